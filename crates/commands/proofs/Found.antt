@@ -1,5 +1,5 @@
 -- What is found or refused of a race.
-use Rattle.std.proofs.Common.{◌≡◌, ◌<◌, ◌∙◌, ℕ, Bool, true, List, None, Option, Some, ap, codes, inl, inr, refl, subst, sym}
+use Rattle.std.proofs.Common.{◌≡◌, ◌⊎◌, ◌<◌, ◌∙◌, ℕ, Bool, true, List, None, Option, Some, ap, codes, inl, inr, refl, subst, sym}
 use Rattle.std.specs.Option.{IfSome}
 use Rattle.std.specs.Prelude.{if◌then◌else◌}
 use Rattle.plain_store.specs.Reached.{most_revisions}
@@ -22,7 +22,9 @@ use Rattle.race_scripts.specs.declared.fault.ScriptingError.TheVariants as scrip
 use Rattle.requests.specs.declared.reply.Reply.{Reply}
 use Rattle.requests.specs.declared.request.Request.{Request}
 use Rattle.commands.specs.Finding.{IsAnswer, IsAnswerRefusal, IsAskedIn, IsBadCapacity, IsChoiceRefusal, IsChosen, IsChosenRefusal, IsOutcomesRefusal, IsUnreadRefusal, all_lines, bad_script, end_of, question_in, scripting_refusal, untold_line}
+use Rattle.commands.specs.Noting.{AreOutcomesNotes, NotesBy}
 use Rattle.commands.specs.declared.args.OutcomesWords.{OutcomesWords}
+use Rattle.plain.specs.Streams.{Puts}
 
 -- what is refused is the race that the input has
 pub refused_race : (name : Option (List ℕ)) (options : OutcomesWords) (input : List ℕ) (asked : AskedRace) → IsAskedIn options input asked
@@ -101,3 +103,22 @@ told_brief options q asked found begun lent beginning text is asks same begins l
   where
     lines_if : Bool → List ℕ
     lines_if b = if b then ends_brief_text (question_in options) asked (objects_begun asked.race.capacity asked.race.beginning.items) found else ends_text (question_in options) asked found
+
+-- the notes of the bytes that were read are those of the input
+pub noted_of_input : (options : OutcomesWords) (had : Option (List ℕ)) (bytes lent notes : List ℕ) → IfSome had (λ i. bytes ≡ i) → lent ≡ bytes
+    → AreOutcomesNotes options lent notes → IfSome had (λ input. AreOutcomesNotes options input notes)
+noted_of_input options None bytes lent notes all same made = tt
+noted_of_input options (Some i) bytes lent notes all same made = subst (λ b. AreOutcomesNotes options b notes) (same ∙ all) made
+
+-- the notes were written as they are shown, or the writer failed
+pub notes_written : (options : OutcomesWords) (had before after : Option (List ℕ)) (failed fails : ℕ) (notes shown : List ℕ) → IfSome had (λ input. AreOutcomesNotes options input notes)
+    → shown ≡ notes → Puts before shown after ⊎ (failed < fails) → NotesBy options had before after failed fails
+notes_written options None before after failed fails notes shown made same written = tt
+notes_written options (Some input) before after failed fails notes shown made same written =
+    (notes, made, subst (λ t. Puts before t after ⊎ (failed < fails)) same written)
+
+-- a race whose capacity has no notes is refused
+pub notes_refused : (name : Option (List ℕ)) (options : OutcomesWords) (asked : AskedRace) → IfSome name (λ n. IsBadCapacity asked.race.capacity × (n ≡ codes "BadCapacity"))
+    → IfSome name (IsAnswerRefusal options asked)
+notes_refused None options asked refused = tt
+notes_refused (Some name) options asked refused = inl refused

@@ -5,6 +5,7 @@ pub mod Finding
 pub mod Forms
 pub mod Grammar
 pub mod Halts
+pub mod Noting
 pub mod Planning
 pub mod Racing
 pub mod Refusing

@@ -1,15 +1,16 @@
-//! `stsctl outcomes`.
+//! What `stsctl outcomes` finds of a race.
 ghost use Rattle.std.specs.Prelude.{◌≡◌, [], None, Some, codes, false, IfOk, IfErr, IfSome};
 ghost use Rattle.std.specs.Option.{option_copied};
 ghost use Rattle.commands.specs.Finding.{IsAnswer, IsAnswerRefusal, IsAskedIn, IsBadCapacity, IsChosen, IsChosenRefusal, IsOutcomesRefusal, IsOutcomesText, IsUnreadRefusal, all_lines, end_of, first_in, first_of, number_of, question_of, untold_in, untold_line};
 ghost use Rattle.commands.specs.Halts.{is_read, name_of, refused_as, told_line};
+ghost use Rattle.commands.specs.Noting.{AreOutcomesNotes, notes_in};
 ghost use Rattle.race_lines.specs.RaceTexts.{race_of, race_parts};
 ghost use Rattle.race_lines.specs.RefusedLines.{refused_line_of};
 ghost use Rattle.scripts.specs.Events.{Fails};
 
-use crate::answering::Answer;
 use crate::args::OutcomesWords;
 use crate::halt::{Halt, halt_at};
+use crate::notes::notes_in;
 use explorer::{End, ends};
 use objects::Memory;
 use outcome_lines::{ends_brief_text, ends_text};
@@ -24,33 +25,42 @@ use std::alloc::Global;
 /// Behind this index a line has no number of its own.
 const LAST_INDEX: usize = 18_446_744_073_709_551_613;
 
-/// How a race may end: what its callers are told, which store it leaves, or both; in words if that is requested, or as a
-/// script that shows one end.
-#[derive(Clone, Copy, Drop)]
-pub(crate) struct Finding {
-    pub(crate) options: OutcomesWords,
-}
-
-impl Answer for Finding {
-    ghost is_text = { λ word input text. IsOutcomesText word.options input text };
-
-    ghost is_refusal = { λ word input name. IsOutcomesRefusal word.options input name };
-
-    fn answer(&self, alloc: Global, input: &[u8]) -> Result<Vec<u8>, Halt> {
-        ends_of_lines(alloc, self.options, input)
-    }
+/// What is written of a race.
+#[derive(Drop)]
+pub(crate) struct Found {
+    /// How it may end: what its callers are told, which store it leaves, or both; in words if that is requested, or as a
+    /// script that shows one end.
+    pub(crate) text: Vec<u8>,
+    /// The notes about controllers that plan nothing when it begins.
+    pub(crate) notes: Vec<u8>,
 }
 
 /// What is to be written, given all lines.
-fn ends_of_lines(alloc: Global, options: OutcomesWords, input: &[u8]) -> Result<Vec<u8>, Halt>
-    ensures found { IfOk result (λ text. IsOutcomesText options input.now text.items) }
+pub(crate) fn found_in_lines(
+    alloc: Global,
+    options: OutcomesWords,
+    input: &[u8],
+) -> Result<Found, Halt>
+    ensures found { IfOk result (λ found. IsOutcomesText options input.now found.text.items) }
+    ensures noted { IfOk result (λ found. AreOutcomesNotes options input.now found.notes.items) }
     ensures refused { IfErr result (λ halt. IfSome (name_of halt) (IsOutcomesRefusal options input.now)) }
     ensures read { IfErr result (λ halt. is_read halt ≡ false) }
 {
     let asked = race_of_input(alloc, options, input)?;
-    let text = ends_of_race(alloc, options, &asked);
+    let found = found_of_race(alloc, options, &asked);
     drop(asked);
-    text
+    found
+}
+
+fn found_of_race(alloc: Global, options: OutcomesWords, asked: &AskedRace) -> Result<Found, Halt>
+    ensures found { IfOk result (λ found. IsAnswer options asked.now found.text.items) }
+    ensures noted { IfOk result (λ found. found.notes.items ≡ notes_in options.choice asked.now) }
+    ensures refused { IfErr result (λ halt. IfSome (name_of halt) (IsAnswerRefusal options asked.now)) }
+    ensures read { IfErr result (λ halt. is_read halt ≡ false) }
+{
+    let text = ends_of_race(alloc, options, asked)?;
+    let notes = notes_in(alloc, options.choice, asked)?;
+    Ok(Found { text, notes })
 }
 
 /// The race of these lines, as it is asked about.
@@ -141,7 +151,7 @@ fn first_of(own: &[usize]) -> Option<u64>
 }
 
 /// The number of a line, from 1, by its index after the first line.
-fn number_of(index: usize) -> u64
+pub(crate) fn number_of(index: usize) -> u64
     ensures { result ≡ number_of index }
 {
     if index < LAST_INDEX {

@@ -3,6 +3,7 @@ ghost use Rattle.std.specs.Prelude.{◌≡◌, ◌≢◌, ◌<◌, ◌⊎◌, No
 ghost use Rattle.commands.specs.Clustering.{cluster_refusal};
 ghost use Rattle.commands.specs.Finding.{ending_refusal, scripting_refusal};
 ghost use Rattle.commands.specs.Halts.{IsNamed, Tells, halt_of, is_read, name_of, refused_as};
+ghost use Rattle.commands.specs.Noting.{notes_refusal};
 ghost use Rattle.commands.specs.Planning.{plan_refusal, read_refusal};
 ghost use Rattle.commands.specs.Replaying.{run_refusal};
 
@@ -12,6 +13,7 @@ use crate::status::{
 };
 use controllers::ClusterFault;
 use explorer::Refusal;
+use first_rounds::NotesError;
 use history::ReplayError;
 use objects::{Memory, ReadError, Text};
 use plain::{InputFault, RequestError, Sink};
@@ -118,6 +120,17 @@ impl From<Refusal> for Halt {
             Refusal::Memory => Halt::Memory,
             Refusal::BadCapacity => Halt::Refused("BadCapacity"),
             Refusal::TooManyOutcomes => Halt::Refused("TooManyOutcomes"),
+        }
+    }
+}
+
+impl From<NotesError> for Halt {
+    ghost from_gives = { λ error halt. (is_read halt ≡ false) × (name_of halt ≡ notes_refusal error) };
+
+    fn from(error: NotesError) -> Halt {
+        match error {
+            NotesError::Memory => Halt::Memory,
+            NotesError::BadCapacity => Halt::Refused("BadCapacity"),
         }
     }
 }

@@ -6,6 +6,7 @@ ghost use Rattle.commands.specs.Grammar.{Cluster, Outcomes, Plan, Race, Replay, 
 ghost use Rattle.commands.specs.Clustering.{Clusters};
 ghost use Rattle.commands.specs.Finding.{Finds};
 ghost use Rattle.commands.specs.Halts.{Tells};
+ghost use Rattle.commands.specs.Noting.{Notes};
 ghost use Rattle.commands.specs.Planning.{Plans};
 ghost use Rattle.commands.specs.Racing.{Races, RacesPart};
 ghost use Rattle.commands.specs.Refusing.{Refuses};
@@ -15,7 +16,7 @@ ghost use Rattle.commands.specs.Serving.{AsksOutOfRange, Serves, ServesSome};
 use crate::answering::run_word;
 use crate::args::{CommandLine, read_words};
 use crate::explain::explain;
-use crate::finding::Finding;
+use crate::outcomes::run_outcomes;
 use crate::plan::run_plan;
 use crate::race::run_race;
 use crate::running::Running;
@@ -91,6 +92,11 @@ pub fn command<T: Threads + Wait + Sync, S: AsStr, R: Source, W: Sink, F: Sink>(
         result ≡ FAILURE → asked texts ≡ Outcomes → (writer.new ≡ writer.old)
         ⊎ Finds PutsPart texts (R.remaining reader.old) (R.remaining reader.new) (W.written writer.old) (W.written writer.new) }
 
+    // Outcomes: then the notes about controllers that plan nothing at the beginning.
+    ensures noted { let texts = map S.text words.now in
+        result ≡ SUCCESS → asked texts ≡ Outcomes
+        → Notes texts (R.remaining reader.old) (F.written faults.old) (F.written faults.new) (F.failures faults.old) (F.failures faults.new) }
+
     // Race: the line of the report, the history before it if that is requested, and nothing else, or after a failure a
     // part of it; the report is not legal exactly at the status of a refusal.
     ensures raced { let texts = map S.text words.now in
@@ -114,7 +120,8 @@ pub fn command<T: Threads + Wait + Sync, S: AsStr, R: Source, W: Sink, F: Sink>(
     ensures silent { let kinds = faults_of (map S.text words.now) in
         kinds ≢ [] → list_any is_request kinds ≡ false → writer.new ≡ writer.old }
     ensures writes_no_part { result ≡ REFUSED → asked (map S.text words.now) ≢ Race → writer.new ≡ writer.old }
-    ensures quiet { result < BAD_WORDS → faults.new ≡ faults.old }
+    ensures quiet { result < BAD_WORDS → asked (map S.text words.now) ≢ Outcomes → faults.new ≡ faults.old }
+    ensures quiet_failure { result ≡ FAILURE → faults.new ≡ faults.old }
 
     // Faults: devices that fail, and out of memory.
     ensures cause { result ≡ FAILURE → (R.failures reader.old < R.failures reader.new) ⊎ ((W.failures writer.old < W.failures writer.new)
@@ -135,9 +142,7 @@ pub fn command<T: Threads + Wait + Sync, S: AsStr, R: Source, W: Sink, F: Sink>(
         }
         Ok(CommandLine::Plan(plan)) => run_plan(heap, &plan, reader, writer, faults),
         Ok(CommandLine::Race(race)) => run_race(rt, heap, &race, writer),
-        Ok(CommandLine::Outcomes(options)) => {
-            run_word(heap, &Finding { options }, reader, writer, faults)
-        }
+        Ok(CommandLine::Outcomes(options)) => run_outcomes(heap, options, reader, writer, faults),
         Err(error) => explain(heap, words, &error, writer, faults),
     }
 }

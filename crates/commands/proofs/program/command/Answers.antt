@@ -130,7 +130,7 @@ returns-in-Err-clause-clustered_part g c = λ is asks.
 pub returns-in-Ok-Outcomes-clause-found : goal.returns-in-Ok-Outcomes-clause-found
 returns-in-Ok-Outcomes-clause-found g c = λ is asks.
     let asked = subst (λ (a : CommandLine). IsCommandLine (map g.S.AsStr.text c.args.words.now) a) c.in-Ok-Outcomes.field-0-is c.in-Ok-Outcomes.ensures.asked in
-    (c.in-Ok-Outcomes.options, asked.1, c.run_word-in-Ok-Outcomes.ensures.answered is)
+    (c.in-Ok-Outcomes.options, asked.1, c.run_outcomes.ensures.answered is)
 
 pub returns-in-Err-clause-found : goal.returns-in-Err-clause-found
 returns-in-Err-clause-found g c = λ is asks.
@@ -139,7 +139,7 @@ returns-in-Err-clause-found g c = λ is asks.
 pub returns-in-Ok-Outcomes-clause-found_part : goal.returns-in-Ok-Outcomes-clause-found_part
 returns-in-Ok-Outcomes-clause-found_part g c = λ is asks.
     let asked = subst (λ (a : CommandLine). IsCommandLine (map g.S.AsStr.text c.args.words.now) a) c.in-Ok-Outcomes.field-0-is c.in-Ok-Outcomes.ensures.asked in
-    elim (c.run_word-in-Ok-Outcomes.ensures.part is) [
+    elim (c.run_outcomes.ensures.part is) [
       | inl same ↦ inl same
       | inr part ↦ inr (c.in-Ok-Outcomes.options, asked.1, part)
     ]
@@ -148,6 +148,20 @@ pub returns-in-Err-clause-found_part : goal.returns-in-Err-clause-found_part
 returns-in-Err-clause-found_part g c = λ is asks.
     let memory = only_memory c.in-Err.error (map g.S.AsStr.text c.args.words.now) Outcomes c.in-Err.ensures.faults asks tt in
     inl (c.explain.ensures.untouched (ap is_request memory))
+
+pub returns-in-Ok-Outcomes-clause-noted : goal.returns-in-Ok-Outcomes-clause-noted
+returns-in-Ok-Outcomes-clause-noted g c = λ is asks.
+    let asked = subst (λ (a : CommandLine). IsCommandLine (map g.S.AsStr.text c.args.words.now) a) c.in-Ok-Outcomes.field-0-is c.in-Ok-Outcomes.ensures.asked in
+    (c.in-Ok-Outcomes.options, asked.1, c.run_outcomes.ensures.noted is)
+
+pub returns-in-Err-clause-noted : goal.returns-in-Err-clause-noted
+returns-in-Err-clause-noted g c = λ is asks.
+    absurd (no_request c.in-Err.error (map g.S.AsStr.text c.args.words.now) Outcomes c.in-Err.ensures.faults asks tt (c.explain.ensures.success is))
+
+pub returns-in-Ok-Outcomes-clause-quiet : goal.returns-in-Ok-Outcomes-clause-quiet
+returns-in-Ok-Outcomes-clause-quiet g c = λ low other.
+    let asked = subst (λ (a : CommandLine). IsCommandLine (map g.S.AsStr.text c.args.words.now) a) c.in-Ok-Outcomes.field-0-is c.in-Ok-Outcomes.ensures.asked in
+    absurd (other asked.0)
 
 pub returns-in-Ok-Race-clause-raced_part : goal.returns-in-Ok-Race-clause-raced_part
 returns-in-Ok-Race-clause-raced_part g c = λ is asks.

@@ -1,0 +1,3 @@
+-- ---- cited by public clauses
+pub mod Notes
+pub mod Obstacles
