@@ -15,8 +15,8 @@ ghost use Rattle.commands.specs.Serving.{AsksOutOfRange, Serves, ServesSome};
 
 use crate::answering::run_word;
 use crate::args::{CommandLine, read_words};
+use crate::ending::run_outcomes;
 use crate::explain::explain;
-use crate::outcomes::run_outcomes;
 use crate::plan::run_plan;
 use crate::race::run_race;
 use crate::running::Running;

@@ -5,7 +5,7 @@ use Rattle.commands.proofs.Replayed.{named_and, writes_by}
 use Rattle.commands.specs.Finding.{IsOutcomesRefusal, IsOutcomesText}
 use Rattle.commands.specs.Halts.{IsRefusedIn, Tells, name_of}
 use Rattle.plain.specs.Streams.{Puts, PutsPart}
-use Rattle.commands.proofs.outcomes.run_outcomes.Goals as goal
+use Rattle.commands.proofs.ending.run_outcomes.Goals as goal
 
 pub returns-in-Ok-clause-answered : goal.returns-in-Ok-clause-answered
 returns-in-Ok-clause-answered g c = λ is.

@@ -8,7 +8,7 @@ use Rattle.commands.proofs.Found.{noted_of_input}
 use Rattle.commands.proofs.Inputs.{made_of_input, refused_of_input}
 use Rattle.commands.proofs.Halted.{counts-input, counts-none}
 use Rattle.commands.proofs.Replayed.{error_has, unnamed}
-use Rattle.commands.proofs.outcomes.found_in_all.Goals as goal
+use Rattle.commands.proofs.ending.found_in_all.Goals as goal
 
 pub returns-in_err-input-clause-refused : goal.returns-in_err-input-clause-refused
 returns-in_err-input-clause-refused g c =
