@@ -111,7 +111,9 @@ const CALLERS: u64 = 4_095;
 fn takes_callers(replay: &mut Replay, count: u64) -> bool {
     for caller in 0..count {
         let event = Event::Check(caller);
-        if !takes(replay, &event) && !takes(replay, &event) {
+        let is_taken = takes(replay, &event) || takes(replay, &event);
+        drop(event);
+        if !is_taken {
             return false;
         }
     }
