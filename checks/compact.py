@@ -37,7 +37,7 @@ def statuses(kind):
 
 
 def gets(kind):
-    return "".join(line({"do": "get", "kind": kind, "name": f"x{number}"}) for number in range(COUNT))
+    return "".join(line({"do": "get", "kind": kind, "name": f"x{number}", "namespace": "default"}) for number in range(COUNT))
 
 
 def owners(length):
