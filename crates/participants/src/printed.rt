@@ -1,14 +1,16 @@
 // An object as the JSON value that is printed of it.
-ghost use Rattle.std.specs.Prelude.{◌≡◌, ◌<◌, ◌^◌, codes, decimal, option_map, unwrap_or, IfOk};
+ghost use Rattle.std.specs.Prelude.{◌≡◌, ◌<◌, ◌^◌, codes, decimal, option_map, unwrap_or, IfOk, Ok, Option};
 ghost use Rattle.serde_json.specs.Data.{string, no_members, number as number_data, unsigned};
+ghost use Rattle.trees.specs.Building.{put_some};
 ghost use Rattle.trees.specs.Tree.{data_of};
+ghost use Rattle.trees.specs.declared.tree.Tree.{Tree as SpecTree};
 ghost use Rattle.objects.specs.Object.{object_at};
 ghost use Rattle.objects.specs.Text.{full_metadata, printed, unless_zero};
 ghost use Rattle.objects.specs.Uid.{uid_text};
 
 use crate::merging::members_or_none;
 use objects::{Integer, Members, Memory, Object, Text, Tree, uid_text};
-use std::alloc::{AllocError, Global};
+use std::alloc::Global;
 
 /// The object as a JSON value.
 pub(crate) fn printed(alloc: Global, object: &Object) -> Result<Tree, Memory>
@@ -40,16 +42,30 @@ fn full_metadata(alloc: Global, object: &Object, metadata: Members) -> Result<Me
 {
     let key = &object.key;
     let meta = &object.meta;
-    let uid = uid_of(alloc, meta.uid)?;
-    let version = version_of(alloc, meta.revision)?;
-    let deletion = copied(&meta.deletion)?;
-    let with_uid = metadata.with_some("uid", uid)?;
-    let with_version = with_uid.with_some("resourceVersion", version)?;
+    let with_uid = with_read(metadata, "uid", uid_of(alloc, meta.uid))?;
+    let version = version_of(alloc, meta.revision);
+    let with_version = with_read(with_uid, "resourceVersion", version)?;
     let with_namespace = with_version.with_text(alloc, "namespace", key.namespace.as_str())?;
     let with_name = with_namespace.with_text(alloc, "name", key.name.as_str())?;
     let with_generation = with_name.with_some("generation", generation_of(meta.generation))?;
-    let full = with_generation.with_some("deletionTimestamp", deletion)?;
-    Ok(full)
+    with_read(with_generation, "deletionTimestamp", copied(&meta.deletion))
+}
+
+/// The members with that value at the key, unless there is none.
+fn with_read(
+    members: Members,
+    key: &str,
+    value: Result<Option<Tree>, Memory>,
+) -> Result<Members, Memory>
+    ensures { IfOk result (λ ms. (v : Option SpecTree) × (value ≡ Ok v) × (ms ≡ put_some key.now (option_map data_of v) members)) }
+{
+    match value {
+        Ok(value) => Ok(members.with_some(key, value)?),
+        Err(error) => {
+            drop(members);
+            Err(error)
+        }
+    }
 }
 
 fn uid_of(alloc: Global, number: u64) -> Result<Option<Tree>, Memory>
@@ -62,7 +78,7 @@ fn uid_of(alloc: Global, number: u64) -> Result<Option<Tree>, Memory>
     Ok(Some(Tree::Text(Text::from(uid_text(alloc, number)?))))
 }
 
-fn version_of(alloc: Global, number: u64) -> Result<Option<Tree>, AllocError>
+fn version_of(alloc: Global, number: u64) -> Result<Option<Tree>, Memory>
     ensures { IfOk result (λ t. option_map data_of t ≡ unless_zero number (string (decimal number))) }
 {
     if number == 0 {
@@ -81,7 +97,7 @@ fn generation_of(number: u64) -> Option<Tree>
     }
 }
 
-fn copied(text: &Option<Text>) -> Result<Option<Tree>, AllocError>
+fn copied(text: &Option<Text>) -> Result<Option<Tree>, Memory>
     ensures { IfOk result (λ t. option_map data_of t ≡ option_map string text.now) }
 {
     match text {
