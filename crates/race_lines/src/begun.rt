@@ -1,6 +1,6 @@
 // The objects at the beginning.
-ghost use Rattle.std.specs.Prelude.{◌≡◌, ◌≤◌, ◌<◌, IfOk, IsErrOf, OnOk};
-ghost use Rattle.race_lines.specs.Looks.{objects_begun};
+ghost use Rattle.std.specs.Prelude.{◌≡◌, ◌≤◌, ◌<◌, [], IfOk, IsErrOf, OnOk};
+ghost use Rattle.race_lines.specs.Looks.{looks_of, objects_begun};
 ghost use Rattle.plain_store.specs.Reached.{most_revisions};
 ghost use Rattle.plain_store.specs.Run.{after, replies};
 
@@ -26,9 +26,20 @@ pub fn objects_begun(
     ensures few { IsErrOf result Refusal.TooManyOutcomes → ⊥ }
 {
     let mut store = Trees::new(alloc, capacity)?;
-    pass(&mut store, beginning)?;
+    let begun = looked(alloc, &mut store, beginning);
+    drop(store);
+    Ok(begun?)
+}
+
+/// The replies to the looks, behind these requests.
+fn looked(alloc: Global, store: &mut Trees, beginning: &[Request]) -> Result<Vec<Reply>, Memory>
+    ensures { IfOk result (λ begun. begun.items ≡ replies (after store.old beginning.now) (looks_of beginning.now [])) }
+{
+    pass(store, beginning)?;
     let looks = looks_of(alloc, beginning, &[])?;
-    Ok(replies_to(alloc, &mut store, looks.as_slice())?)
+    let begun = replies_to(alloc, store, looks.as_slice());
+    drop(looks);
+    begun
 }
 
 fn pass(store: &mut Trees, requests: &[Request]) -> Result<(), Memory>

@@ -86,10 +86,20 @@ fn store_of(alloc: Global, race: &Race) -> Result<Trees, ScriptingError> {
         Ok(store) => store,
         Err(PlainError::BadCapacity) => return Err(ScriptingError::NoScript),
     };
-    for request in &race.beginning {
+    match pass(&mut store, race.beginning.as_slice()) {
+        Ok(()) => Ok(store),
+        Err(error) => {
+            drop(store);
+            Err(ScriptingError::from(error))
+        }
+    }
+}
+
+fn pass(store: &mut Trees, requests: &[Request]) -> Result<(), Memory> {
+    for request in requests {
         drop(store.take(request.clone()?)?);
     }
-    Ok(store)
+    Ok(())
 }
 
 fn play_on(

@@ -46,15 +46,32 @@ pub(crate) fn staged(
         replay: Replay::new(alloc, 1, capacity)?,
         events: Vec::new(alloc),
     };
-    stage.begin(beginner, beginning)?;
-    stage.run(callers, order, play.sent.as_slice())?;
-    stage.end(callers, play.left_out.as_slice())?;
+    let played = stage.play(beginner, beginning, callers, order, play);
     let Stage { replay, events } = stage;
     drop(replay);
-    Ok(events)
+    match played {
+        Ok(()) => Ok(events),
+        Err(error) => {
+            drop(events);
+            Err(error)
+        }
+    }
 }
 
 impl Stage {
+    fn play(
+        &mut self,
+        beginner: u64,
+        beginning: &[Request],
+        callers: &[Option<u64>],
+        order: &[Move],
+        play: &Play,
+    ) -> Result<(), ScriptingError> {
+        self.begin(beginner, beginning)?;
+        self.run(callers, order, play.sent.as_slice())?;
+        self.end(callers, play.left_out.as_slice())
+    }
+
     fn begin(&mut self, beginner: u64, beginning: &[Request]) -> Result<(), ScriptingError> {
         for request in beginning {
             self.call(beginner, request)?;
@@ -114,9 +131,13 @@ impl Stage {
     }
 
     fn apply_event(&mut self, event: Event) -> Result<(), ScriptingError> {
-        self.step(&event)?;
-        self.events.push(event)?;
-        Ok(())
+        match self.step(&event) {
+            Ok(()) => Ok(self.events.push(event)?),
+            Err(error) => {
+                drop(event);
+                Err(error)
+            }
+        }
     }
 
     /// Applies the event, unless there were too many.
