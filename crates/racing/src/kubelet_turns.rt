@@ -117,6 +117,28 @@ fn wait_for_news<S: SharedStore, R: Wait, G: Gate>(
 }
 
 /// One turn, and then more until all controllers have ended, at most 64 for each round in all.
+fn make_turns<S: SharedStore, R: Wait, G: Gate>(
+    rt: &R,
+    field: &RaceContext<'_, S, G>,
+    caller: &mut S::Caller,
+    key: &Key,
+) -> Result<Vec<TimedExchange>, Memory>
+    ensures { IfOk result (λ exchanges. HasTurned S.shards S.capacity field.now.course.now.spec.rounds exchanges.items) }
+{
+    let mut exchanges = Vec::new(field.course.alloc);
+    make_turn(rt, field, caller, &mut exchanges, 0)?;
+    for turns in 1..field.course.spec.rounds.saturating_mul(TURNS) {
+        if field.course.has_ended() {
+            break;
+        }
+        if !make_turn(rt, field, caller, &mut exchanges, turns)? {
+            wait_for_news(rt, field, caller, key)?;
+        }
+    }
+    Ok(exchanges)
+}
+
+/// All turns of the kubelet.
 pub(crate) fn run_kubelet<S: SharedStore, R: Wait, G: Gate>(
     rt: &R,
     field: &RaceContext<'_, S, G>,
@@ -125,15 +147,7 @@ pub(crate) fn run_kubelet<S: SharedStore, R: Wait, G: Gate>(
     ensures { IfOk result (λ exchanges. HasTurned S.shards S.capacity field.now.course.now.spec.rounds exchanges.items) }
 {
     let key = set_key(field.course.alloc)?;
-    let mut exchanges = Vec::new(field.course.alloc);
-    make_turn(rt, field, &mut caller, &mut exchanges, 0)?;
-    for turns in 1..field.course.spec.rounds.saturating_mul(TURNS) {
-        if field.course.has_ended() {
-            return Ok(exchanges);
-        }
-        if !make_turn(rt, field, &mut caller, &mut exchanges, turns)? {
-            wait_for_news(rt, field, &mut caller, &key)?;
-        }
-    }
-    Ok(exchanges)
+    let made = make_turns(rt, field, &mut caller, &key);
+    drop(key);
+    made
 }

@@ -1,8 +1,8 @@
 use Rattle.std.proofs.Common.{◌+◌, [], sym, subst}
 use Rattle.racing.specs.Parts.{IsTurning}
 use Rattle.racing.proofs.Standing.{turning_later}
-use Rattle.racing.proofs.kubelet_turns.run_kubelet.Goals as goal
-use Rattle.racing.proofs.kubelet_turns.run_kubelet.Goals.{then-not-branch+in_ok-wait_for_news, else-not-branch}
+use Rattle.racing.proofs.kubelet_turns.make_turns.Goals as goal
+use Rattle.racing.proofs.kubelet_turns.make_turns.Goals.{then-not-branch+in_ok-wait_for_news, else-not-branch}
 
 -- a turn more, and the looks after it
 pub loop-turns-preserved : goal.loop-turns-preserved
